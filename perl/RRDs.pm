@@ -319,7 +319,7 @@ sub xport {
     require JSON::PP;
     # A name is a string of JSON in a line with more spaces before it.
     my ($at) = grep { $lines->[$_] eq '  "data": [' } 0 .. $#$lines;
-    my $meta = JSON::PP->new->decode(join "\n", @$lines[0 .. $at - 1], '  "data": []}')->{meta};
+    my $meta = JSON::PP->new->utf8->decode(join "\n", @$lines[0 .. $at - 1], '  "data": []}')->{meta};
     utf8::encode($_) for @{ $meta->{legend} };
     my @rows = map { /^ +\[ (.*) \],?\z/ ? [map { _value($_) } split /, /, $1] : () } @$lines[$at + 1 .. $#$lines];
     return (map({ _whole($_) } @$meta{qw(start end step)}), scalar @{ $meta->{legend} }, $meta->{legend}, \@rows);

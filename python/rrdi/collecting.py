@@ -4,7 +4,7 @@ from __future__ import annotations
 
 import os
 import threading
-from typing import List, NamedTuple, Optional, Tuple
+from typing import List, Optional, Tuple
 from weakref import WeakValueDictionary
 
 from .commands import Batch, Lines, RefusedLine, batch, batch_on_new, check_same, make_at, run_on
@@ -30,11 +30,10 @@ class RefusedLines(Refused):
         return RefusedLines, (self.path, self.lines)
 
 
-class _Creation(NamedTuple):
-    """A waiting `create` of a file that did not exist: the place of its line, and whether another's file is kept."""
+class _Creation(str):
+    """The line of a waiting `create` of a file that did not exist."""
 
-    place: int
-    exist_ok: bool
+    exist_ok: bool  # whether another's file is kept
 
 
 class Collected:
@@ -46,7 +45,6 @@ class Collected:
         self.refused: List[RefusedLine] = []
         self._waiting: List[str] = []
         self._taken = 0  # the waiting lines that run now, while a handler of a signal may call
-        self._creation: Optional[_Creation] = None
         self._count = 0  # the lines that were run
         self.guard = threading.RLock()
         _collected[id(self)] = self
@@ -66,7 +64,10 @@ class Collected:
                     if not self._is_created():
                         check_same(self.path, words, self.now, self.busy_timeout)
                     return
-                self._creation = _Creation(len(self._waiting), exist_ok)
+                line = _Creation(line_of(words))
+                line.exist_ok = exist_ok
+                self._waiting.append(line)
+                return
             self.change(words)
 
     def _is_created(self) -> bool:
@@ -119,15 +120,14 @@ class Collected:
             return
         with self.guard:
             del self._waiting[self._taken:]
-            self._creation = None
 
     def _run(self, question: List[str]) -> str:
         """Runs the waiting changes and then a query; returns the output of all. Keeps the refused lines."""
         start = self._taken
-        try:
+        try:  # an exception of a handler may come at any place
             waiting = self._waiting[start:]
             self._taken = start + len(waiting)
-            ran = self._ran(waiting + question, start)
+            ran = self._ran(waiting + question)
             del self._waiting[start:start + len(waiting)]
         finally:
             self._taken = start
@@ -135,19 +135,17 @@ class Collected:
         self._count += len(waiting)
         return ran.output
 
-    def _ran(self, lines: List[str], start: int) -> Batch:
-        """Runs lines, of which the first one waits at `start`. If they create a file that did not exist, they run on a new
-        file, which gets its name when it is whole."""
-        creation = self._creation
-        if creation is None or creation.place < start:
+    def _ran(self, lines: List[str]) -> Batch:
+        """Runs lines. If they create a file that did not exist, they run on a new file, which gets its name when it is whole."""
+        creation = next((line for line in lines if isinstance(line, _Creation)), None)
+        if creation is None:
             return self._batch(self.path, lines)
         ran = make_at(self.path, lambda new: batch_on_new(new, lines, self.now, self.sync), self.sync)
         if ran is None:
             if not creation.exist_ok:
                 raise Exists(self.path)
-            lines[creation.place - start] = ""  # an empty line does nothing
-            ran = self._batch(self.path, lines)
-        self._creation = None
+            # An empty line does nothing.
+            ran = self._batch(self.path, ["" if line is creation else line for line in lines])
         return ran
 
     def _batch(self, path: str, lines: Lines) -> Batch:

@@ -8,6 +8,7 @@ may write the folder may put a link to any file in place of the other name, so t
 from __future__ import annotations
 
 import errno
+import fcntl
 import os
 import re
 import secrets
@@ -32,6 +33,7 @@ NO_LIST = frozenset({errno.ENODATA, errno.EOPNOTSUPP, errno.ENOTSUP, errno.ENOSY
 AT_FDCWD, RENAME_NOREPLACE = -100, 1  # Linux's numbers, for renameat2
 UNFINISHED = re.compile(r"\.rrdi-[0-9a-f]{16}\.new")
 LEFT_OVER = 86_400  # seconds after which nobody fills such a file any more
+STANDARD_ERROR = 2  # the number of the last standard stream
 MOST_LINKS = 40  # that lead from one to the next, as Linux follows them
 
 
@@ -92,7 +94,7 @@ class NewFile:
 
     def __enter__(self) -> NewFile:
         try:
-            self._file = open_file(self._name, os.O_RDWR | os.O_CREAT | os.O_EXCL, self._mode)
+            self._file = above_streams(open_file(self._name, os.O_RDWR | os.O_CREAT | os.O_EXCL, self._mode))
         except OSError as error:
             raise self._of_name(error) from None
         self.unfinished = path_of(self._file.fileno(), self._name)
@@ -204,6 +206,15 @@ def is_empty_at(file: FileIO, path: str) -> bool:
     """Checks whether an open file is empty, and still has its name."""
     found = os.fstat(file.fileno())
     return found.st_size == 0 and os.path.samestat(found, os.lstat(path))
+
+
+def above_streams(file: FileIO) -> FileIO:
+    """Moves an open file that has the number of a standard stream to a higher one: if the stream is closed, what is written to
+    it must not land in the file."""
+    if file.fileno() > STANDARD_ERROR:
+        return file
+    with file:
+        return FileIO(fcntl.fcntl(file.fileno(), fcntl.F_DUPFD_CLOEXEC, STANDARD_ERROR + 1), "r+b")
 
 
 def path_of(number: int, name: str) -> str:

@@ -35,8 +35,8 @@ def encoded_path(path: FilePath) -> bytes:
 
 def numbers_in(path: bytes) -> Tuple[int, ...]:
     """Returns the number of an open file of this process if the path leads to it: another program then needs it too."""
-    found = re.fullmatch(rb"/proc/self/fd/([0-9]+)", path)
-    return (int(found[1]),) if found else ()
+    found = re.fullmatch(rb"/proc/self/fd/([0-9]{1,9})", path)
+    return (int(found[1]),) if found and os.path.exists(path) else ()
 
 
 def as_bytes(text: str) -> bytes:

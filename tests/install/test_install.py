@@ -161,6 +161,8 @@ def test_fields_of_packages(packages: dict[str, Path]) -> None:
     assert "librr" not in fields["rrdi"]["Depends"] and fields["rrdi"]["Recommends"] == "librrdi0"
     assert fields["librrdi-dev"]["Depends"] == f"librrdi0 (= {version})"
     assert "librrds-perl" not in fields["librrds-perl-rrdi"]["Depends"]
+    for name, needed in (("python3-rrdi", "librrdi0"), ("python3-rrdi", "rrdi"), ("librrds-perl-rrdi", "rrdi")):
+        assert f"{needed} (>= {version})" in fields[name]["Depends"].split(", "), (name, needed)
 
 
 @pytest.mark.xdist_group("packages")

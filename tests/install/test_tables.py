@@ -110,7 +110,7 @@ def test_commands(program: Program, folder: Path, check: Check) -> None:
     check.same(usage - of_rrdtool, {"batch", "revert"}, "commands that rrdi-rrdtool lacks, since RRDtool has none")
     told = " ".join(subprocess.run([sys.executable, "-B", TOP / "tools/rrdi-rrdtool", "--help"], capture_output=True, text=True,
                                    check=True).stdout.split())
-    listed = re.search(r"COMMAND is (.*?), with RRDtool's options", told)
+    listed = re.search(r"COMMAND is (.*?), with most options", told)
     assert listed
     named = set(re.findall(r"\w+", listed[1])) - {"or"}
     check.same(named, (set(Commands().ways) | {"graph", "graphv", "xport"}) - {"times", "rows"}, "the help of rrdi-rrdtool")

@@ -22,7 +22,7 @@ from doubles import PROGRAM, TOP
 from tool_case import NO_RRDTOOL, RRDTOOL, Ran, ToolCase
 
 from rrdi.making import NewFile
-from rrdi.tools import conversion, export_many, restoring, rrdtool_program
+from rrdi.tools import children, conversion, export_many, restoring, rrdtool_program
 from rrdi.tools.children import ChildAnswer, answers
 from rrdi.tools.command_line import Failure
 from rrdi.tools.export_many import make_new, swap_in_place
@@ -152,6 +152,16 @@ class InPlace(DataCase):
 
 
 class Children(unittest.TestCase):
+    def test_a_process_that_is_killed_while_it_waits(self) -> None:
+        """The next thing has that answer; the run goes on."""
+        several: children.Children[str] = children.Children(["a", "b"], lambda name: ChildAnswer(True, name), 1)
+        self.addCleanup(several.end)
+        self.assertEqual(several.answer_of(0), ChildAnswer(True, "a"))
+        (child,) = several.running.values()
+        os.kill(child.process, 9)
+        os.waitid(os.P_PID, child.process, os.WEXITED | os.WNOWAIT)
+        self.assertEqual(several.answer_of(1), ChildAnswer(False, "the process was ended by signal 9"))
+
     def test_answers(self) -> None:
         """They come in the order of the things, long ones too; a process that is killed has an answer."""
         def work(number: int) -> ChildAnswer:

@@ -202,8 +202,12 @@ class New(EachWriter, unittest.TestCase):
 
     def test_the_start(self) -> None:
         arguments = ["--step", "10", "DS:b:GAUGE:9:U:U"]
-        self.assertEqual(with_start(arguments, b"20:1"), ["--start", "19", *arguments])
-        self.assertEqual(with_start(arguments, b"0:1"), ["--start", "0", *arguments])
+        self.assertEqual(with_start(arguments, b"20:1"), ["--start", "10", *arguments])
+        self.assertEqual(with_start(arguments, b"9:1"), ["--start", "0", *arguments])
+        steps: List[Tuple[List[str], int]] = [(["--step=60"], 940), (["-s", "60"], 940), (["-s60"], 940), ([], 700), (["--step", "x"], 700),
+                                              (["DS:s-s5:GAUGE:9:U:U"], 700)]
+        for step, begin in steps:
+            self.assertEqual(with_start(step, b"1000:1"), ["--start", str(begin), *step])
         for start in (["-b", "5"], ["--start", "5"], ["--start=5"], ["-b5"]):
             self.assertEqual(with_start([*start, *arguments], b"20:1"), [*start, *arguments])
 
@@ -212,7 +216,7 @@ class New(EachWriter, unittest.TestCase):
         rules = f"*.b */b.rrdi {ARGUMENTS}\n** **.rrdi"
         feeder, said = self.fed(b"x.b 1 20\nother 1 20\nx.b 2 30", rules, writer)
         self.assertEqual((said, self.names()), ("", ["x/b.rrdi"]))
-        self.assertEqual(writer.created, [("--start", "19", *ARGUMENTS.split())])
+        self.assertEqual(writer.created, [("--start", "10", *ARGUMENTS.split())])
         self.assertIn((os.path.join(self.folder, b"x/b.rrdi"), [b"20:1", b"30:2"]), writer.batches)
         self.fed(b"x.b 3 40", rules, writer)
         self.assertEqual(len(writer.created), 1)

@@ -37,8 +37,10 @@ class CarbonCase(DataCase):
     def database(self, chosen: Library, **settings: object) -> Any:
         """A database whose clock stands at NOW."""
         self.addCleanup(library.use_library, None)
-        with mock.patch.object(carbon, "load_library", lambda path: library.use_library(chosen)):
+        with mock.patch.object(carbon, "load_library", lambda path: library.use_library(chosen)), \
+                mock.patch.object(carbon, "at_end") as at_end:
             made = carbon.RrdiDatabase(graphite.carbon_settings(str(self.folder), **settings))
+        at_end.assert_called_once_with(made.store.end)
         made.losses._log = self.lines.append
         made.store._clock = lambda: NOW + 1_000
         return made
@@ -91,7 +93,7 @@ class Lines(CarbonCase):
         database.write("a", [(NOW, 1.0)])
         self.assertEqual((self.files(), database.store.waiting), ([], 1))
         self.assertIn("another program holds its lock; 1 points wait", self.lines[0])
-        self.assertFalse(database.exists("a"))
+        self.assertTrue(database.exists("a"))  # carbon need not create it again
         database.create("a", RETENTIONS, None, None)
         database.write("a", [(NOW + 10, 2.0)])
         self.assertEqual(keeping.batches[1][1][1:], [f"update {NOW + 10}:1.000000", f"update {NOW + 20}:2.000000"])
@@ -104,7 +106,7 @@ class Lines(CarbonCase):
                 database.create("a", RETENTIONS, None, None)
                 database.write("a", [(NOW + 20 * number, 1.0), (NOW + 20 * number + 10, 2.0)])
         self.assertEqual((database.store.waiting, self.counts(database)), (3, {"failed": 3}))
-        self.assertEqual([when for when, _ in database.store._waiting[database.getFilesystemPath("a")]],
+        self.assertEqual([when for when, _ in database.store._waiting[database.getFilesystemPath("a")].points],
                          [NOW + 30, NOW + 40, NOW + 50])
 
     def test_a_folder_that_cannot_be_made(self) -> None:
@@ -204,6 +206,13 @@ class Asked(CarbonCase):
             carbon.every(7, self.setUp)
         looping.assert_called_once_with(self.setUp)
         looping.return_value.start.assert_called_once_with(7, False)
+
+    def test_at_end(self) -> None:
+        """After the shutdown, in which the writer's thread ends."""
+        reactor = mock.Mock()
+        with mock.patch.dict(sys.modules, {"twisted": mock.Mock(), "twisted.internet": mock.Mock(reactor=reactor)}):
+            carbon.at_end(self.setUp)
+        reactor.addSystemEventTrigger.assert_called_once_with("after", "shutdown", self.setUp)
 
 
 class Rows(CarbonCase):

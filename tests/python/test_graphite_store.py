@@ -67,6 +67,59 @@ class Edges(DataCase):
             self.assertEqual((store.waiting, sum(store.losses.take().values())), (0, 0))
             (self.folder / "m.rrdi").unlink()
 
+    def test_points_of_a_metric_that_gets_no_others(self) -> None:
+        """They are tried again beside other metrics, one file at a time, and not too often: a try may take seconds."""
+        library, said = self.use(*[graphite.BUSY] * 3), []  # type: graphite.KeepingLibrary, List[str]
+        store, now = self.store(said), [1_000.0]
+        store.create("n", template([(10, 100)], 0.5, "average", 16))
+        with mock.patch("time.monotonic", lambda: now[0]):
+            for metric in ("m", "n"):
+                store.write(metric, [(NOW - 20, 1.0)])
+                now[0] = 1_009.9
+            store.write("", [])
+            self.assertEqual((store.waiting, len(library.batches)), (2, 2))
+            now[0] = 1_010
+            store.write("", [])  # m is tried, and fails
+            self.assertEqual((store.waiting, len(library.batches), store._next_try), (2, 3, 1_020))
+            now[0] = 1_019.9
+            store.write("", [])
+            self.assertEqual(len(library.batches), 3)
+            for waiting in (1, 0, 0):
+                now[0] += 20
+                store.write("", [])
+                self.assertEqual(store.waiting, waiting)
+        self.assertEqual([lines[-1] for _, lines in library.batches], [f"update {NOW - 10}:1.000000"] * 5)
+        self.assertEqual(self.files(), ["data/m.rrdi", "data/n.rrdi"])
+        self.assertEqual(sum(store.losses.take().values()), 0)
+
+    def test_the_pause_after_a_long_try(self) -> None:
+        store, times = self.store([]), iter([500.0, 503.0, 504.0])
+        self.use(*[graphite.BUSY] * 2)
+        store.write("m", [(NOW - 20, 1.0)])
+        store._next_try = 0
+        with mock.patch("time.monotonic", lambda: next(times)):
+            store._try_waiting()
+        self.assertEqual(store._next_try, 504 + 80)
+
+    def test_the_end(self) -> None:
+        """Each file is tried once more; what is lost is counted and said; and not for longer than half a minute."""
+        for answers, late, found in ((1, False, (0, 0)), (3, False, (0, 2)), (2, False, (0, 1)), (1, True, (0, 2))):
+            said: List[str] = []
+            store = self.store(said)
+            store.create("n", template([(10, 100)], 0.5, "average", 16))
+            self.use(*[graphite.BUSY] * 2)
+            for metric in ("m", "n"):
+                store.write(metric, [(NOW - 20, 1.0)])
+            self.use(*[graphite.BUSY] * (answers - 1))
+            times = iter([0.0] + [31.0 if late else 1.0] * 9)
+            with mock.patch("time.monotonic", lambda: next(times)):
+                store.end()
+            lost = store.losses.take().get("failed", 0)
+            self.assertEqual((store.waiting, lost), found, (answers, late))
+            self.assertEqual(len([line for line in said if "its file could not be written up to the end" in line]), found[1])
+            for path in self.folder.glob("*.rrdi"):
+                path.unlink()
+
     def test_a_file_at_which_the_system_cannot_look(self) -> None:
         """carbon is told that it is there, so that it gives its points, which wait."""
         self.use()

@@ -52,9 +52,9 @@ class Tools(ToolCase):
         self.assertEqual(self.tool("rrdi-plot", ".", "x.png", "AVERAGE").err, "rrdi-plot: .: cannot open: Is a directory\n")
         self.assertEqual(self.tool("rrdi-plot", "none", "x.png", "AVERAGE").err,
                          "rrdi-plot: none: cannot open: No such file or directory\n")
-        with mock.patch.object(program, "batch", side_effect=program.CommandFailed("cannot open")), \
-                self.assertRaisesRegex(Failure, "none/x.rrdi: cannot open: No such file or directory"):
-            make(str(self.folder / "none/x.rrdi"), [], lambda new: None)
+        with mock.patch.object(program, "batch_on_new", side_effect=program.CommandFailed("cannot open", errno.EIO)), \
+                self.assertRaisesRegex(Failure, "/x.rrdi: cannot open: Input/output error"):
+            make(str(self.folder / "x.rrdi"), [], lambda new: None)
         failed = program.CommandFailed("cannot open", errno.EAGAIN)
         self.assertEqual(failed.of_file("f"), "f: cannot open: another program holds its lock")
 

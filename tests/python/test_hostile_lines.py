@@ -62,11 +62,12 @@ class Keeping(NothingStaysOpen):
             file.write(b"a database")
         return DONE
 
+    def batch(self, data: object, lines: bytes, now: int) -> Answer:
+        self.lines += lines.decode("utf-8", "surrogateescape").split("\n")
+        return DONE._replace(data=b"a database")
+
     def run(self, data: object, words: bytes, now: int) -> Answer:
         raise AssertionError("no command is run in memory")
-
-    def batch(self, data: object, lines: bytes, now: int) -> Answer:
-        raise AssertionError("no lines are run in memory")
 
 
 class LineCase(DataCase):

@@ -69,6 +69,12 @@ class Starting(unittest.TestCase):
         self.addCleanup(self.end)
         self.started: List[int] = []
 
+    def test_ports_of_many_nodes(self) -> None:
+        """Each node has its own, and none is the relay's or the front's."""
+        cluster = self.module.Cluster(self.cluster.folder, 20, 12_000, "rrdi")
+        found = [port for name in cluster.names if name != "front" for port in cluster.ports(name)]
+        self.assertEqual(len(set(found)), 4 * 21)
+
     def commands(self, cluster: Any, name: str, what: str, python: str) -> Iterator[List[str]]:
         ports = map(str, self.module.ports_of(cluster, name)[what])
         yield [sys.executable, "-c", SERVER, f"{cluster.folder / name}/pid/{what}", *ports]

@@ -178,6 +178,18 @@ class Making(DataCase):
         with self.assertRaises(OSError):
             os.fstat(number)
 
+    def test_the_number_of_a_closed_stream(self) -> None:
+        """What is written to the stream does not land in the file."""
+        lowest = os.open("/dev/null", os.O_RDONLY)
+        os.close(lowest)
+        with mock.patch.object(making, "STANDARD_ERROR", lowest):
+            with NewFile(str(self.path)) as new:
+                self.assertEqual(os.path.basename(new.unfinished), str(lowest + 1))
+                self.assertRaises(OSError, os.fstat, lowest)
+                Path(new.unfinished).write_text("new")
+                self.assertTrue(new.is_filled() and new.appear())
+        self.assertEqual(self.path.read_text(), "new")
+
     def test_a_folder_that_is_not_there(self) -> None:
         """The error names the file, and not the other name, which nobody knows."""
         path = str(self.folder / "none/f")

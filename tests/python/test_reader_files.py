@@ -6,6 +6,8 @@ from __future__ import annotations
 import errno
 import fcntl
 import os
+import subprocess
+import sys
 import threading
 import unittest
 from typing import Any, Callable, Dict, List, Optional, Tuple
@@ -13,6 +15,7 @@ from unittest import mock
 
 import graphite_doubles as graphite
 from cases import new_folder
+from doubles import TOP
 from rrdi import locks
 from rrdi.errors import Damaged
 from rrdi.reader import files
@@ -31,6 +34,18 @@ def kept_error(call: Callable[..., object], *words: object) -> BaseException:
 
 
 class Files(unittest.TestCase):
+    def test_standard_input_under_a_lock(self) -> None:
+        """It is read under a shared lock, as a file is."""
+        path = new_folder(self) / "f.rrdi"
+        path.write_bytes(graphite.file_bytes(1_700_000_000))
+        with open(path, "rb") as given, open(path, "rb") as other:
+            for operation, is_read in ((fcntl.LOCK_SH, True), (fcntl.LOCK_EX, False)):
+                fcntl.flock(other, operation)
+                ran = subprocess.run([sys.executable, "-m", "rrdi.reader", "json", "-"], stdin=given, capture_output=True, text=True,
+                                     env={**os.environ, "PYTHONPATH": str(TOP / "python"), "RRDI_WAIT": "0"})
+                self.assertEqual((ran.returncode == 0, "another program holds its lock" in ran.stderr), (is_read, not is_read), ran)
+                os.lseek(given.fileno(), 0, os.SEEK_SET)
+
     def setUp(self) -> None:
         self.path = new_folder(self) / "m.rrdi"
         self.path.write_bytes(DATA)

@@ -6,6 +6,7 @@ from __future__ import annotations
 import fcntl
 import os
 import time
+import types
 import unittest
 from typing import Any, Dict, List, Optional, Tuple
 from unittest import mock
@@ -121,6 +122,17 @@ class Sources(unittest.TestCase):
             self.watched({}, 30, 601, 10)
         with self.assertRaisesRegex(Failure, "^there is no source b, only other, a$"):
             WatchedSource(self.watched({}).file, "b", 0)
+
+    def test_no_row_of_extremes(self) -> None:
+        """An average before the least or the greatest of several steps, even of shorter rows; of one step they are alike."""
+        def chosen(*archives: Tuple[str, int]) -> int:
+            listed: List[Any] = [types.SimpleNamespace(function=function, steps=steps, seconds=10 * steps, retention=600) for function, steps in archives]
+            file = mock.Mock(outline=lambda: types.SimpleNamespace(sources=["a"], archives=listed),
+                             settings=lambda: {"sources": [{"heartbeat": 20}]})
+            return listed.index(WatchedSource(file, "a", 60).archive)
+        for archives, wanted in (([("MIN", 5), ("AVERAGE", 5), ("MAX", 5)], 1), ([("MIN", 5), ("AVERAGE", 6)], 1), ([("AVERAGE", 6), ("MAX", 1)], 1),
+                                 ([("LAST", 6), ("MAX", 5)], 1)):
+            self.assertEqual(chosen(*archives), wanted, archives)
 
     def rows(self, found: List[KnownRow]) -> Dict[int, float]:
         return {LAST - row.time: row.value / MILLION for row in found}

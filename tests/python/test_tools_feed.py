@@ -109,7 +109,7 @@ class Feed(ToolCase):
         self.assertTrue((self.data / "w1/load.rrdi").exists())
         created = [line for line in self.logged() if line.startswith("create")]
         self.assertEqual(len(created), 2)  # once when the rules are read
-        self.assertTrue(created[1].endswith(f" --start 19 {CREATE}"), created[1])
+        self.assertTrue(created[1].endswith(f" --start 10 {CREATE}"), created[1])
         self.assertEqual(sorted(path.name for path in self.data.rglob("*")), ["load.rrdi", "w1"])
 
     def test_no_rules(self) -> None:

@@ -322,6 +322,13 @@ package main; use RRDs; tie *STDOUT, 'Kept'; my $last = RRDs::last('f.rrdi'); un
             self.run_command([PERL, "-T", f"-I{self.folder}/perl", "-e", "use RRDs; RRDs::last('f.rrdi')"], env=given)
             self.assertEqual(self.read("seen"), seen)
 
+    def test_a_program_that_ignores_its_children(self) -> None:
+        """What rrdi ends with is known all the same."""
+        assert PERL
+        ran = self.run_command([PERL, f"-I{TOP}/perl", "-e", "use RRDs; $SIG{CHLD} = 'IGNORE'; RRDs::update('f.rrdi', '9000000000:1:1'); print RRDs::error()"],
+                               env={"RRDI": "/bin/false"})
+        self.assertIn("ended with status 1", ran.out)
+
     def test_it_can_be_read_as_a_page(self) -> None:
         ran = self.run_command(["podchecker", f"{TOP}/perl/RRDs.pm"])
         self.assertEqual(ran.status, 0, ran.err)

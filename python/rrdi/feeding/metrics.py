@@ -21,6 +21,7 @@ NUMBER = re.compile(WITH_EXPONENT.encode() + rb"|[-+]?[nN][aA][nN]|U")
 TIME = re.compile(rb"([0-9]+)(\.[0-9]*)?")
 NOW = (b"-1", b"N")
 AHEAD = 86_400  # seconds by which a time may be later than the present: later samples of the file would be refused
+STEP, USUAL_STEP = re.compile("(?:^| )(?:--step[= ]|-s ?)([0-9]{1,10})(?= |$)"), 300  # seconds
 LONGEST_WORD = 1_024  # bytes of a value or a time
 
 
@@ -72,11 +73,12 @@ class MetricFeeder(Feeder):
 
 
 def with_start(arguments: Sequence[str], sample: bytes) -> List[str]:
-    """Adds to the arguments of create a start one second before the first sample, if the arguments have no start."""
+    """Adds to the arguments of create a start one step before the first sample, if the arguments have no start: so its row is
+    known."""
     if any(word == "-b" or re.match("-b[0-9]|--start(=|$)", word) for word in arguments):
         return list(arguments)
-    first = int(sample.split(b":")[0])
-    return ["--start", str(max(first - 1, 0)), *arguments]
+    first, step = int(sample.split(b":")[0]), STEP.search(" ".join(arguments))
+    return ["--start", str(max(first - int(step[1] if step else USUAL_STEP), 0)), *arguments]
 
 
 class NotCreated(Exception):

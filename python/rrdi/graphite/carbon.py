@@ -49,6 +49,12 @@ def bounds_of(settings: Any) -> OpenBounds:
                   whole_number(settings, "RRDI_OPEN_MEMORY", usual.memory, 10**9))
 
 
+def at_end(call: Callable[[], None]) -> None:
+    """Calls a function when carbon stops and its writer has ended."""
+    from twisted.internet import reactor
+    reactor.addSystemEventTrigger("after", "shutdown", call)
+
+
 def every(seconds: float, call: Callable[[], None]) -> None:
     """Calls a function each so many seconds, once carbon runs."""
     from twisted.internet import reactor
@@ -81,6 +87,7 @@ class RrdiDatabase(TimeSeriesDatabase):  # type: ignore[misc]
         self.store = Store(options, self.losses)
         if interval > 0:
             every(interval, self.report)
+        at_end(self.store.end)
 
     # ---- What carbon asks
 

@@ -24,6 +24,8 @@ from .names import path_of
 from .slots import Line, Point, Slots, lines_of, sort_points
 
 MOST_KNOWN = 100_000  # files whose first numbers are remembered
+PAUSE, SHARE = 10.0, 20  # between two tries of points that wait: so many seconds, and so many times what the last try took
+LONGEST_END = 30.0  # seconds for the last tries
 
 
 class StoreOptions(NamedTuple):
@@ -41,6 +43,13 @@ class Known(NamedTuple):
     identity: Tuple[int, int]  # the device and the inode
 
 
+class Waiting(NamedTuple):
+    """Points of a metric whose file could not be written."""
+
+    metric: str
+    points: List[Point]
+
+
 class Tried(NamedTuple):
     """What is left after a try: slots of refused lines, what to count, and the first reason of a refusal."""
 
@@ -56,8 +65,9 @@ class Store:
         self.options, self.losses, self._clock, self._files = options, losses, clock, OpenFiles(options.open)
         self._new: Dict[str, Template] = {}  # the files that are to be made with their first points
         self._known: Dict[str, Known] = {}
-        self._waiting: Dict[str, List[Point]] = {}
+        self._waiting: Dict[str, Waiting] = {}  # by the path, the one that was tried longest ago first
         self._count = 0  # of all points that wait
+        self._next_try = 0.0
 
     @property
     def waiting(self) -> int:
@@ -87,31 +97,61 @@ class Store:
         path, given = self.path(metric), list(points)
         if path is None:
             self.losses.add(metric, {"name": len(given)})
-            return
-        given = self._taken(path) + given
-        new = self._new.pop(path, None)
-        try:
-            self._write(metric, path, given, new)
-        except Exception as fault:  # the points must survive any exception
-            self._wait(metric, path, given, why(path, fault))
+        else:
+            self._try(metric, path, given)
+        self._try_waiting()
 
     def close(self) -> None:
         """Closes the files that stayed open. Another write may follow."""
         self._files.close_all()
 
+    def end(self) -> None:
+        """Tries the points that wait for the last time, counts and logs those that are lost, and closes all files."""
+        end = time.monotonic() + LONGEST_END
+        for path, (metric, points) in list(self._waiting.items()):
+            if time.monotonic() < end:
+                self._try(metric, path, [])
+        for path, (metric, points) in self._waiting.items():
+            self.losses.add(metric, {"failed": len(points)}, "its file could not be written up to the end")
+        self._waiting, self._count = {}, 0
+        self.close()
+
+    def _try(self, metric: str, path: str, points: List[Point]) -> None:
+        given = self._taken(path) + points
+        new = self._new.pop(path, None)
+        try:
+            self._write(metric, path, given, new)
+        except Exception as fault:  # the points must survive any exception
+            if new is not None:
+                self._new[path] = new
+            self._wait(metric, path, given, why(path, fault))
+
     # ---- Points that wait
 
+    def _try_waiting(self) -> None:
+        """Tries the points of one file that wait, from time to time: its metric may get no other point for long."""
+        now = time.monotonic()
+        if self._waiting and now >= self._next_try:
+            path = next(iter(self._waiting))
+            self._try(self._waiting[path].metric, path, [])
+            took = time.monotonic() - now
+            self._next_try = now + took + max(PAUSE, SHARE * took)
+
     def _taken(self, path: str) -> List[Point]:
-        found = self._waiting.pop(path, [])
-        self._count -= len(found)
-        return found
+        found = self._waiting.pop(path, None)
+        if found is None:
+            return []
+        self._count -= len(found.points)
+        return found.points
 
     def _wait(self, metric: str, path: str, points: List[Point], reason: str) -> None:
         """Keeps points for the next write of their metric; if there are too many, the oldest are lost."""
         kept, lost = newest(points, min(MOST_OF_A_FILE, MOST_OF_ALL - self._count))
         self.losses.add(metric, {"failed": lost}, reason)
         if kept:
-            self._waiting[path] = kept
+            if not self._waiting:
+                self._next_try = time.monotonic() + PAUSE
+            self._waiting[path] = Waiting(metric, kept)
             self._count += len(kept)
             self.losses.say(f"rrdi: {metric[:300]}: {reason}; {len(kept)} points wait for the next ones")
 

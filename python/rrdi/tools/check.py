@@ -209,7 +209,9 @@ class WatchedSource:
         reaching = [archive for archive in outline.archives if archive.retention >= seconds]
         if not reaching:
             raise Failure(f"no archive has rows of the last {length_text(seconds)}")
-        self.archive: StoredArchive = min(reaching, key=lambda archive: archive.seconds)
+        # Rows of several steps by another function would show the least or the greatest step, or one of them.
+        self.archive: StoredArchive = min(reaching, key=lambda archive: (
+            archive.steps > 1 and archive.function != "AVERAGE", archive.seconds))
 
     def rows(self, after: int, until: int) -> List[KnownRow]:
         """Returns the known rows that end after a time, up to another time."""

@@ -189,7 +189,7 @@ def swap_in(old: str, kept: str, before: os.stat_result, fill: Callable[[str], N
     - `Failure` if the file has changed since `before`, or there is another file of the name `kept`; those of `fill`.
     - `OSError` if the system refuses the owner, the mode or a name.
     """
-    with NewFile(old, mode=0o600) as made:  # nobody else reads the new file before it has the mode of the old one
+    with NewFile(old, follows=False, mode=0o600) as made:  # nobody else reads it before it has the old mode
         fill_new(made, fill)
         made.take_owner(before, old)
         made.flush()

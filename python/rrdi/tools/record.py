@@ -43,7 +43,7 @@ from __future__ import annotations
 
 import os
 import shutil
-from contextlib import contextmanager, suppress
+from contextlib import ExitStack, contextmanager, suppress
 from functools import partial
 from io import FileIO
 from typing import Callable, Dict, Iterator, List, NamedTuple, Optional
@@ -92,22 +92,29 @@ def take_turn(file: FileIO, path: str) -> None:
 
 def copy(old: str, new: str) -> None:
     """Copies a file. The copy gets its name only when it is complete, and takes the place of a link of this name."""
-    with NewFile(new, follows=False, mode=0o600) as made:
-        fill_copy(old, new, made.unfinished)
+    with open_regular(old) as source, NewFile(new, follows=False, mode=0o600) as made:
+        fill_copy(old, source, new, made.unfinished)
         made.replace()
 
 
-def fill_copy(old: str, new: str, unfinished: str) -> None:
-    """Copies a file, with its mode and its access control list, to the path at which `new` is being made.
+def fill_copy(old: str, source: FileIO, new: str, unfinished: str) -> None:
+    """Copies a file that was opened before `new` is being made at a path: whoever may write the folder may put a link in the
+    place of the old one then. The copy has its group, its mode and its access control list, or nothing for the group.
 
     # Errors
     `OSError` with the name of the file that cannot be read or made: Python's own names the old one if the disk is full, too.
     """
     try:
-        # By this number only: whoever may write the folder may put a link in the place of the old file meanwhile.
-        with open_regular(old) as source, open(unfinished, "wb") as copied:
+        with open(unfinished, "wb") as copied:
             shutil.copyfileobj(source, copied)
-            take_mode(copied.fileno(), os.fstat(source.fileno()), source.fileno())
+            found, number = os.fstat(source.fileno()), copied.fileno()
+            if found.st_gid != os.fstat(number).st_gid:
+                try:
+                    os.fchown(number, -1, found.st_gid)
+                except PermissionError:
+                    os.fchmod(number, found.st_mode & 0o707)
+                    return
+            take_mode(number, found, source.fileno())
     except OSError as error:
         raise OSError(error.errno, error.strerror or str(error), old if error.filename == old else new) from None
 
@@ -204,14 +211,16 @@ def restore(file: str, damage: str, fill: Fill) -> None:
         if not is_held:
             raise Failure(f"{file} has changed meanwhile")
         copy(file, file + ".refused")
-        chosen = newest_copy(file)
-        with NewFile(file, mode=0o600 if chosen else 0o666) as made:
-            if chosen:
-                fill_copy(chosen, file, made.unfinished)
+        chosen, path = newest_copy(file), os.path.realpath(file)
+        with ExitStack() as opened:
+            source = opened.enter_context(open_regular(chosen)) if chosen else None
+            made = opened.enter_context(NewFile(path, follows=False, mode=0o600 if source else 0o666))
+            if source:
+                fill_copy(chosen, source, file, made.unfinished)
             else:
                 fill(made.unfinished)
             with suppress(PermissionError):
-                made.take_owner(os.stat(file), file)
+                made.take_owner(os.stat(path, follow_symlinks=False), path)
             made.replace()
     what = f"; restored from {chosen}" if chosen else " and no copy is readable; started an empty database"
     say(called_name(TOOL), f"{file} is damaged ({damage}){what}")
@@ -242,8 +251,9 @@ def keep_copies(file: str, last: int) -> None:
     """
     if 0 <= last - max(last_of_copy(f"{file}.1"), 0) < HOUR:
         return
-    with NewFile(f"{file}.1", follows=False, mode=0o600) as made:  # a link of this name goes on with what it leads to
-        fill_copy(file, f"{file}.1", made.unfinished)
+    # A link of this name goes on with what it leads to.
+    with open_regular(file) as source, NewFile(f"{file}.1", follows=False, mode=0o600) as made:
+        fill_copy(file, source, f"{file}.1", made.unfinished)
         # Up to the first name that is free, as one is after a kill.
         free = next((number for number in range(1, COPIES) if not is_there(f"{file}.{number}")), COPIES)
         for number in range(free, 1, -1):
