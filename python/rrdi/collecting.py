@@ -136,7 +136,7 @@ class Collected:
         return ran.output
 
     def _ran(self, lines: List[str]) -> Batch:
-        """Runs lines. If they create a file that did not exist, they run on a new file, which gets its name when it is whole."""
+        """Runs lines. If they create a file that did not exist, they run on a new one, which gets its name when it is whole."""
         creation = next((line for line in lines if isinstance(line, _Creation)), None)
         if creation is None:
             return self._batch(self.path, lines)
