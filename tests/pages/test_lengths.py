@@ -11,10 +11,10 @@ from support.program import TOP
 LIMITS = {
     "CHANGELOG.md": 650, "CONTRIBUTING.md": 1_025, "README.md": 700, "docs/ARCHITECTURE.md": 1_705,
     "docs/DECISIONS.md": 960, "docs/README.md": 235, "docs/commands.md": 2_550, "docs/concepts.md": 915,
-    "docs/cookbook.md": 1_425, "docs/definitions.md": 4_355, "docs/differences.md": 1_125, "docs/embedding.md": 1_425,
+    "docs/cookbook.md": 1_430, "docs/definitions.md": 4_355, "docs/differences.md": 1_125, "docs/embedding.md": 1_425,
     "docs/errors.md": 1_520, "docs/export.md": 770, "docs/feeding.md": 1_105, "docs/file-format.md": 3_345,
-    "docs/files.md": 1_550, "docs/glossary.md": 455, "docs/graphite.md": 1_270, "docs/install.md": 1_090,
-    "docs/is-rrdi-for-you.md": 535, "docs/migrate.md": 1_110, "docs/moving-files.md": 1_165,
+    "docs/files.md": 1_550, "docs/glossary.md": 455, "docs/graphite.md": 1_335, "docs/install.md": 1_090,
+    "docs/is-rrdi-for-you.md": 535, "docs/migrate.md": 1_115, "docs/moving-files.md": 1_165,
     "docs/performance.md": 780, "docs/plotting.md": 650, "docs/proofs.md": 2_275, "docs/python.md": 1_595,
     "docs/recording.md": 775, "docs/results.md": 700, "docs/testing.md": 1_500, "docs/troubleshooting.md": 840,
     "docs/trust.md": 2_270, "docs/tutorial.md": 685, "tests/README.md": 630, "docs/rrdi-check.1": 350,
