@@ -287,7 +287,15 @@ static void test_threads(void) {
     link_error = new_error = 0;
 }
 
+static int open_files(void) {
+    int found = 0;
+    for (int file = 0; file < 64; file++)
+        found += fcntl(file, F_GETFD) >= 0;
+    return found;
+}
+
 int main(void) {
+    int before = open_files();
     test_words();
     test_words_in_calls();
     test_made("a file system with links");
@@ -300,5 +308,6 @@ int main(void) {
     test_links();
     test_closed_input();
     test_threads();
+    want(open_files() == before, "the descriptors that are open at the end");
     return end();
 }
