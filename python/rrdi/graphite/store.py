@@ -43,7 +43,7 @@ class Known(NamedTuple):
     identity: Tuple[int, int]  # the device and the inode
 
 
-class Waiting(NamedTuple):
+class WaitingPoints(NamedTuple):
     """Points of a metric whose file could not be written."""
 
     metric: str
@@ -65,7 +65,7 @@ class Store:
         self.options, self.losses, self._clock, self._files = options, losses, clock, OpenFiles(options.open)
         self._new: Dict[str, Template] = {}  # the files that are to be made with their first points
         self._known: Dict[str, Known] = {}
-        self._waiting: Dict[str, Waiting] = {}  # by the path, the one that was tried longest ago first
+        self._waiting: Dict[str, WaitingPoints] = {}  # by the path, the one that was tried longest ago first
         self._count = 0  # of all points that wait
         self._next_try = 0.0
 
@@ -151,7 +151,7 @@ class Store:
         if kept:
             if not self._waiting:
                 self._next_try = time.monotonic() + PAUSE
-            self._waiting[path] = Waiting(metric, kept)
+            self._waiting[path] = WaitingPoints(metric, kept)
             self._count += len(kept)
             self.losses.say(f"rrdi: {metric[:300]}: {reason}; {len(kept)} points wait for the next ones")
 
