@@ -51,7 +51,7 @@ from typing import Callable, Dict, Iterator, List, NamedTuple, Optional
 from ..damaged import held, is_being_made
 from ..errors import NOT_OURS, TRAILING, TRUNCATED, fault_of
 from ..limits import MOST_CHANGES
-from ..locks import EXCLUSIVE, close, lock, open_file, open_regular
+from ..locks import EXCLUSIVE, check_regular, close, lock, open_file, open_regular
 from ..making import NewFile, is_there, make, take_mode
 from ..reader.stored import MARK
 from . import machine, program
@@ -219,8 +219,10 @@ def restore(file: str, damage: str, fill: Fill) -> None:
                 fill_copy(chosen, source, file, made.unfinished)
             else:
                 fill(made.unfinished)
+            found = os.stat(path, follow_symlinks=False)
+            check_regular(found)
             with suppress(PermissionError):
-                made.take_owner(os.stat(path, follow_symlinks=False), path)
+                made.take_owner(found, path)
             made.replace()
     what = f"; restored from {chosen}" if chosen else " and no copy is readable; started an empty database"
     say(called_name(TOOL), f"{file} is damaged ({damage}){what}")
