@@ -126,6 +126,19 @@ class InPlace(DataCase):
         self.assertEqual((self.path.read_text(), self.path.stat().st_mode & 0o777, Path(f"{self.path}.rrdi").read_bytes()), ("RRD", 0o640, self.data))
         self.assertEqual((flushed[0].startswith(f"{self.folder}/.rrdi-"), flushed[1:], self.files()), (True, [str(self.folder)], ["data/f.rrd", "data/f.rrd.rrdi"]))
 
+    def test_a_link_that_is_there_for_a_moment(self) -> None:
+        """Whoever may write the folder may put it there: what it leads to stays as it is."""
+        victim, away, before = self.folder / "victim", self.folder / "away", os.stat(self.path)
+        victim.write_text("victim")
+        self.path.rename(away)
+        self.path.symlink_to(victim)
+
+        def fill(new: str) -> None:
+            Path(new).write_text("RRD")
+            away.replace(self.path)
+        conversion.swap_in(str(self.path), f"{self.path}.rrdi", before, fill)
+        self.assertEqual((victim.read_text(), self.path.read_text(), Path(f"{self.path}.rrdi").read_bytes()), ("victim", "RRD", self.data))
+
     def test_other_names(self) -> None:
         for count, text in ((1, "1 other name of the database still has it"), (2, "2 other names of the database still have it")):
             self.path.unlink()
