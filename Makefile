@@ -198,8 +198,7 @@ install-program: $(PROGRAM) install-directories
 	done
 
 # Not all of the directory: below a PREFIX of $HOME/.local it is the one in which a user may have databases.
-REMOVE_SHARED = (cd "$(SHARED)" 2>/dev/null && rm -rf docs examples perl python tools && \
-	rm -f CHANGELOG.md README.md LICENSE LICENSE-APACHE LICENSE-MIT VERSION directories)
+OF_SHARED = docs examples perl python tools CHANGELOG.md README.md LICENSE LICENSE-APACHE LICENSE-MIT VERSION directories
 
 uninstall: ## removes what was installed below PREFIX
 	rm -f "$(BINARIES)/rrdi" "$(MANUALS)/rrdi.1" "$(MANUALS)/rrdi.1.gz" "$(COMPLETIONS)/rrdi" "$(MODULES)/rrdi"
@@ -207,7 +206,7 @@ uninstall: ## removes what was installed below PREFIX
 		"$(LIBRARIES)/librrdi.so" "$(LIBRARIES)/librrdi.so.0" "$(MANUALS_OF_C)/rrdi.3" $(EXPORTS:%="$(MANUALS_OF_C)/%.3") \
 		"$(MANUALS_OF_C)/rrdi.3.gz" $(EXPORTS:%="$(MANUALS_OF_C)/%.3.gz") \
 		$(INLINE:%="$(MANUALS_OF_C)/%.3.gz")
-	@made=$$(LC_ALL=C sort -r "$(NOTED)" 2>/dev/null); $(REMOVE_SHARED); \
+	@made=$$(LC_ALL=C sort -r "$(NOTED)" 2>/dev/null); rm -rf $(OF_SHARED:%="$(SHARED)/%"); \
 	echo "$$made" | while read -r directory; do \
 		[ -z "$$directory" ] || rmdir "$(DESTDIR)$$directory" 2>/dev/null || :; \
 	done

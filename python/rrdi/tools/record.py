@@ -99,7 +99,7 @@ def copy(old: str, new: str) -> None:
 
 def fill_copy(old: str, source: FileIO, new: str, unfinished: str) -> None:
     """Copies a file that was opened before `new` is being made at a path: whoever may write the folder may put a link in the
-    place of the old one then. The copy has its group, its mode and its access control list, or nothing for the group.
+    place of the old one then. The copy has its group, its mode and its access control list.
 
     # Errors
     `OSError` with the name of the file that cannot be read or made: Python's own names the old one if the disk is full, too.
@@ -107,14 +107,7 @@ def fill_copy(old: str, source: FileIO, new: str, unfinished: str) -> None:
     try:
         with open(unfinished, "wb") as copied:
             shutil.copyfileobj(source, copied)
-            found, number = os.fstat(source.fileno()), copied.fileno()
-            if found.st_gid != os.fstat(number).st_gid:
-                try:
-                    os.fchown(number, -1, found.st_gid)
-                except PermissionError:
-                    os.fchmod(number, found.st_mode & 0o707)
-                    return
-            take_mode(number, found, source.fileno())
+            take_mode(copied.fileno(), os.fstat(source.fileno()), source.fileno())
     except OSError as error:
         raise OSError(error.errno, error.strerror or str(error), old if error.filename == old else new) from None
 
